@@ -1,5 +1,6 @@
 // A copy of a server's records in a book of its own.
 ghost use Rattle.std.specs.Prelude.{◌≡◌, ◌⊎◌, ◌<◌, ◌≤◌, ℕ, [], length, IfOk, IfErr};
+ghost use Rattle.su_book.specs.declared.books.TheConstants.{MOST_RECORDS};
 ghost use Rattle.su_book.specs.Machine.{IsCapacity, IsRun, count_of};
 ghost use Rattle.su_bytes.specs.declared.refusals.Refusal.TheVariants.{BadKey, NoMemory};
 ghost use Rattle.su_chain.specs.ChainEnd.{HasBadKey};
@@ -61,7 +62,7 @@ where
         held.records)) }
     ensures refused { IfErr result (λ f.
         ((f ≡ Refused BadKey) × HasBadKey roster) ⊎ (f ≡ Refused NoMemory)
-        ⊎ ((n : ℕ) × (0 < n) × IsRecordFault K.may_fail 0 n f)) }
+        ⊎ ((n : ℕ) × (0 < n) × IsRecordFault K.may_fail MOST_RECORDS 0 n f)) }
 {
     let cells = Cells::new(alloc, MOST_RECORDS)?;
     let blank = Blank::new(PARTS);
@@ -86,7 +87,7 @@ where
     R: Read + Drop,
     W: Write + Drop,
     requires cells { cells ≡ N.cells }
-    requires capacity { IsCapacity (length cells) }
+    requires capacity { IsCapacity (length cells.names) }
     requires ledger { (blank.name ≡ N.name) × (blank.parts ≡ N.parts) × (257 ≤ N.parts) }
     requires holds { K.holds keeper [] }
     ensures run { IfOk result (λ c. IsRun c.closed.book) }
@@ -98,7 +99,7 @@ where
         held.records)) }
     ensures refused { IfErr result (λ f.
         ((f ≡ Refused BadKey) × HasBadKey roster) ⊎ (f ≡ Refused NoMemory)
-        ⊎ ((n : ℕ) × (0 < n) × IsRecordFault K.may_fail 0 n f)) }
+        ⊎ ((n : ℕ) × (0 < n) × IsRecordFault K.may_fail (length cells.names) 0 n f)) }
 {
     let (book, seat, _) = SharedBook::<N, K>::open(alloc, cells, roster, blank, keeper)?;
     let mut copier = Copier::new(rt, alloc, &book, blocks, seat);

@@ -15,7 +15,7 @@ use Rattle.su_message.specs.declared.replies.Reply.TheVariants as reply
 use Rattle.su_session.specs.Answer.{refusal_reply}
 use Rattle.su_shared.specs.Entry.{Entry, IsShown}
 use Rattle.su_shared.specs.Seats.{SeatView, known_at, Learns}
-use Rattle.su_shared.specs.Shares.{after_grant, after_commit, after_give, learned, IsGrantRefusal, IsCommitRefusal, IsGiveRefusal, MayMeetOrFull}
+use Rattle.su_shared.specs.Shares.{after_grant, after_commit, after_give, learned, IsGrantRefusal, IsCommitRefusal, IsGiveRefusal, MayMeet}
 
 -- ---- the turn and commits
 
@@ -68,7 +68,7 @@ pub record Meets (s : SeatView) (grant : Bool) (IsReason : Refusal → Type 0) (
     (t : SeatView) : Type 0 where
   pub refusal : Refusal
   pub reason : IsReason refusal
-  pub meets : MayMeetOrFull s.kept s.number grant refusal
+  pub meets : MayMeet s.kept s.number grant refusal
   pub reply_is : r ≡ refusal_reply refusal
   pub same : t ≡ s
 
@@ -120,13 +120,15 @@ Gets digest r =
 
 -- ---- all requests
 
--- What may be answered, where keeping and reading may fail so: the seat before it, the request, the
--- reply, the seat after it.
-abbrev pub Answers : Type 0 → SeatView → Request → Reply → SeatView → Type 0
-Answers may_fail s request.Grant r t = Grants s r t ⊎ Meets s true IsGrantRefusal r t
-Answers may_fail s (request.Commit bytes) r t =
-    Stores s bytes r t ⊎ Meets s false (IsCommitRefusal may_fail s.number bytes) r t
-Answers may_fail s request.Give r t = HandsBack s r t ⊎ Meets s false IsGiveRefusal r t
-Answers may_fail s (request.Fetch n) r t = Reads may_fail s n r t ⊎ FindsNothing s n r t
-Answers may_fail s (request.Put item) r t = Puts (is_item item) item r × (t ≡ s)
-Answers may_fail s (request.Get digest) r t = (Gets digest r ⊎ FailsToRead may_fail r) × (t ≡ s)
+-- What may be answered over a book of so many cells, where keeping and reading may fail so: the seat
+-- before it, the request, the reply, the seat after it.
+abbrev pub Answers : Type 0 → ℕ → SeatView → Request → Reply → SeatView → Type 0
+Answers may_fail cells s request.Grant r t = Grants s r t ⊎ Meets s true IsGrantRefusal r t
+Answers may_fail cells s (request.Commit bytes) r t =
+    Stores s bytes r t
+    ⊎ Meets s false (IsCommitRefusal may_fail cells s.kept s.number bytes) r t
+Answers may_fail cells s request.Give r t = HandsBack s r t ⊎ Meets s false IsGiveRefusal r t
+Answers may_fail cells s (request.Fetch n) r t = Reads may_fail s n r t ⊎ FindsNothing s n r t
+Answers may_fail cells s (request.Put item) r t = Puts (is_item item) item r × (t ≡ s)
+Answers may_fail cells s (request.Get digest) r t =
+    (Gets digest r ⊎ FailsToRead may_fail r) × (t ≡ s)

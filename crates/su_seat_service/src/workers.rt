@@ -1,5 +1,5 @@
 // The service of a worker.
-ghost use Rattle.std.specs.Prelude.{◌≡◌, ◌⊎◌, All, IfOk, IfErr};
+ghost use Rattle.std.specs.Prelude.{◌≡◌, ◌⊎◌, All, IfOk, IfErr, length};
 ghost use Rattle.sha2.specs.Sha256.{sha256};
 ghost use Rattle.su_bytes.specs.declared.refusals.Refusal.TheVariants.{MissingBlock, SourceFailed, NoMemory};
 ghost use Rattle.su_message.specs.declared.requests.Request.TheVariants as request;
@@ -70,7 +70,8 @@ impl<'a, N: BookName, K: Keeper, R: Wait> Worker<'a, N, K, R> {
     }
 
     fn grant(&mut self, alloc: Global) -> Result<Reply, Refusal>
-        ensures { Answers K.may_fail self.old request.Grant (said result) self.new }
+        ensures { Answers K.may_fail (length N.cells.names) self.old request.Grant
+            (said result) self.new }
     {
         let (reply, _receipt) = self.book.grant(self.rt, alloc, &mut self.seat)?;
         self.lacks_item = false;
@@ -83,7 +84,8 @@ impl<'a, N: BookName, K: Keeper, R: Wait> Worker<'a, N, K, R> {
     /// for an item in this turn: a client that sends both at once isn't to have a commit stored
     /// without its item.
     fn commit(&mut self, alloc: Global, commit: &Bytes) -> Result<Reply, Refusal>
-        ensures { Answers K.may_fail self.old (request.Commit commit.now) (said result) self.new }
+        ensures { Answers K.may_fail (length N.cells.names) self.old (request.Commit commit.now)
+            (said result) self.new }
     {
         if self.lacks_item {
             return Err(Refusal::NoMemory);
@@ -111,7 +113,8 @@ impl<'a, N: BookName, K: Keeper, R: Wait> Worker<'a, N, K, R> {
     ) -> Result<Reply, Refusal>
         requires { (c : CommitParts) → IsCommit c → commit.now ≡ commit_bytes c
             → digest ≡ c.version.change }
-        ensures { Answers K.may_fail self.old (request.Commit commit.now) (said result) self.new }
+        ensures { Answers K.may_fail (length N.cells.names) self.old (request.Commit commit.now)
+            (said result) self.new }
     {
         let items = self.shared_item(alloc, digest)?;
         self.store(alloc, commit, &items)
@@ -138,7 +141,8 @@ impl<'a, N: BookName, K: Keeper, R: Wait> Worker<'a, N, K, R> {
         items: &Vec<Vec<u8>>,
     ) -> Result<Reply, Refusal>
         requires { AreOfChange commit.now (contents items.now.items) }
-        ensures { Answers K.may_fail self.old (request.Commit commit.now) (said result) self.new }
+        ensures { Answers K.may_fail (length N.cells.names) self.old (request.Commit commit.now)
+            (said result) self.new }
     {
         let bytes = commit.as_slice();
         let (number, _receipt) = self
@@ -149,7 +153,8 @@ impl<'a, N: BookName, K: Keeper, R: Wait> Worker<'a, N, K, R> {
     }
 
     fn give(&mut self, alloc: Global) -> Result<Reply, Refusal>
-        ensures { Answers K.may_fail self.old request.Give (said result) self.new }
+        ensures { Answers K.may_fail (length N.cells.names) self.old request.Give
+            (said result) self.new }
     {
         self.book.give(self.rt, alloc, &mut self.seat)?;
         self.lacks_item = false;
@@ -157,7 +162,8 @@ impl<'a, N: BookName, K: Keeper, R: Wait> Worker<'a, N, K, R> {
     }
 
     fn fetch(&mut self, alloc: Global, number: u64) -> Result<Reply, Refusal>
-        ensures { Answers K.may_fail self.old (request.Fetch number) (said result) self.new }
+        ensures { Answers K.may_fail (length N.cells.names) self.old (request.Fetch number)
+            (said result) self.new }
     {
         let Some(found) = self.book.published(&mut self.seat, number) else {
             return Ok(Reply::Nothing);
@@ -213,7 +219,8 @@ impl<'a, N: BookName, K: Keeper, R: Wait> Worker<'a, N, K, R> {
     /// Puts an item: for a commit where the seat has the turn, since who takes the turn hands one in
     /// next, and else for something else, as a tree that is left.
     fn put(&mut self, alloc: Global, item: &Bytes) -> Result<Reply, Refusal>
-        ensures { Answers K.may_fail self.old (request.Put item.now) (said result) self.new }
+        ensures { Answers K.may_fail (length N.cells.names) self.old (request.Put item.now)
+            (said result) self.new }
     {
         let purpose = if self.seat.kept().turn {
             Purpose::Commit
@@ -228,7 +235,8 @@ impl<'a, N: BookName, K: Keeper, R: Wait> Worker<'a, N, K, R> {
     }
 
     fn get(&self, alloc: Global, digest: Digest) -> Result<Reply, Refusal>
-        ensures { Answers K.may_fail self.now (request.Get digest) (said result) self.now }
+        ensures { Answers K.may_fail (length N.cells.names) self.now (request.Get digest)
+            (said result) self.now }
     {
         let item = match self.blocks.get(self.rt, alloc, digest) {
             Ok(item) => item,
@@ -257,7 +265,7 @@ impl<'a, N: BookName, K: Keeper, R: Wait> Worker<'a, N, K, R> {
 }
 
 impl<'a, N: BookName, K: Keeper, R: Wait> Service for Worker<'a, N, K, R> {
-    ghost answers = { Answers K.may_fail };
+    ghost answers = { Answers K.may_fail (length N.cells.names) };
 
     fn answer(&mut self, alloc: Global, request: &Request) -> Reply {
         match request {

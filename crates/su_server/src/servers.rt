@@ -69,7 +69,7 @@ where
     ensures count { IfOk result (λ r. (came : List L) × Drains I.next_gives sessions came
         × (length came ≡ vec_len r.sessions)) }
     ensures ran { IfOk result (λ r.
-        All (λ served. ∥ RanSo (L.runs (Answers K.may_fail)) served ∥₁) r.sessions.items) }
+        All (λ served. ∥ RanSo (L.runs (Answers K.may_fail capacity)) served ∥₁) r.sessions.items) }
     ensures run { IfOk result (λ r. IsRun r.closed.book) }
     ensures records { IfOk result (λ r. r.closed.records ≡ count_of r.closed.book.journal) }
     ensures calls { IfOk result (λ r. r.closed.calls ≡ length r.closed.book.journal) }
@@ -81,7 +81,7 @@ where
         ((f ≡ Refused BadNumber) × ¬ (IsWorkerCount workers × IsCapacity capacity))
         ⊎ ((f ≡ Refused BadKey) × HasBadKey roster)
         ⊎ (f ≡ Refused LinkFailed) ⊎ (f ≡ Refused NoMemory)
-        ⊎ ((n : ℕ) × (0 < n) × IsRecordFault K.may_fail 0 n f)) }
+        ⊎ ((n : ℕ) × (0 < n) × IsRecordFault K.may_fail capacity 0 n f)) }
 {
     let most = MOST_RECORDS;
     if workers < 1 || MOST_WORKERS < workers || capacity < 1 || most < capacity {
@@ -116,14 +116,15 @@ where
     G: Gate + Sync,
     requires can { I.can_next sessions }
     requires ends { IsFinite (I.remaining sessions) }
-    requires range { IsWorkerCount workers × IsCapacity (length cells) }
+    requires range { IsWorkerCount workers × IsCapacity (length cells.names) }
     requires cells { cells ≡ N.cells }
     requires ledger { (blank.name ≡ N.name) × (blank.parts ≡ N.parts) × (257 ≤ N.parts) }
     requires holds { K.holds keeper [] }
     ensures count { IfOk result (λ r. (came : List L) × Drains I.next_gives sessions came
         × (length came ≡ vec_len r.sessions)) }
     ensures ran { IfOk result (λ r.
-        All (λ served. ∥ RanSo (L.runs (Answers K.may_fail)) served ∥₁) r.sessions.items) }
+        All (λ served. ∥ RanSo (L.runs (Answers K.may_fail (length cells.names))) served ∥₁)
+        r.sessions.items) }
     ensures run { IfOk result (λ r. IsRun r.closed.book) }
     ensures records { IfOk result (λ r. r.closed.records ≡ count_of r.closed.book.journal) }
     ensures calls { IfOk result (λ r. r.closed.calls ≡ length r.closed.book.journal) }
@@ -133,7 +134,7 @@ where
     ensures refused { IfErr result (λ f.
         ((f ≡ Refused BadKey) × HasBadKey roster)
         ⊎ (f ≡ Refused LinkFailed) ⊎ (f ≡ Refused NoMemory)
-        ⊎ ((n : ℕ) × (0 < n) × IsRecordFault K.may_fail 0 n f)) }
+        ⊎ ((n : ℕ) × (0 < n) × IsRecordFault K.may_fail (length cells.names) 0 n f)) }
 {
     let (book, first, records) = SharedBook::<N, K>::open(alloc, cells, roster, blank, keeper)?;
     let (sessions, seats) = serve_at(
@@ -171,7 +172,8 @@ where
     ensures count { IfOk result (λ r. (came : List L) × Drains I.next_gives sessions came
         × (length came ≡ vec_len r.0)) }
     ensures ran { IfOk result (λ r.
-        All (λ served. ∥ RanSo (L.runs (Answers K.may_fail)) served ∥₁) r.0.items) }
+        All (λ served. ∥ RanSo (L.runs (Answers K.may_fail (length N.cells.names))) served ∥₁)
+        r.0.items) }
     ensures refused { IfErr result (λ e. (e ≡ LinkFailed) ⊎ (e ≡ NoMemory)) }
 {
     match services_of(rt, alloc, workers, book, blocks, first, gate) {
