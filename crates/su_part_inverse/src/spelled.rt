@@ -74,6 +74,8 @@ impl Apart {
         ensures refused { (w : Inverse_) → IsPackedAs self.old.inverse self.old.packed w
             → IfErr result (λ e. e ≡ NoMemory) }
     {
+        // names the type for the prover (docs/ARCHITECTURE.md, "Forms the kit wants")
+        let _file: Option<FileId> = None;
         match &self.packed {
             None => {}
             Some(small) => small.unpack(alloc, &mut self.inverse)?,
