@@ -52,10 +52,10 @@ hashed_kept_of i none T k x of = hashed_one T i.blocks.items x (subst (AllByRecu
 -- ---- leaving, one after another
 
 small_stays : (i : Inverse) → HasSmallOf i i
-small_stays i = record { returns = refl; sizes = refl; resets = refl }
+small_stays i = record { returns = refl; sizes = refl; resets = refl; over = refl }
 
 small_on : (i j k : Inverse) → HasSmallOf i j → HasSmallOf j k → HasSmallOf i k
-small_on i j k a b = record { returns = b.returns ∙ a.returns; sizes = b.sizes ∙ a.sizes; resets = b.resets ∙ a.resets }
+small_on i j k a b = record { returns = b.returns ∙ a.returns; sizes = b.sizes ∙ a.sizes; resets = b.resets ∙ a.resets; over = b.over ∙ a.over }
 
 module _ {S : Type 0} {G : S → List ℕ → Type 0} {C : S → S → Type 0} where
   pub leaves_none : {A : Type 0} → ((s : S) → C s s) → (i : Inverse) (s : S) (x : A) → Leaves G C i i s s (Ok x)
@@ -110,7 +110,7 @@ module _ {S : Type 0} {G : S → List ℕ → Type 0} {C : S → S → Type 0} w
         resets = k.resets;
         blocks = k.blocks;
       };
-      small = record { returns = refl; sizes = refl; resets = refl };
+      small = record { returns = refl; sizes = refl; resets = refl; over = refl };
       more = λ T k y g. elim (sheds.more y g) [ inl before ↦ inl before | inr among ↦ inr (hashed T (one_of (HoldsInode T) i.inodes.items m p got k.inodes) y among) ];
       refused = sheds.refused;
       follows = sheds.follows;
@@ -132,7 +132,7 @@ module _ {S : Type 0} {G : S → List ℕ → Type 0} {C : S → S → Type 0} w
         resets = k.resets;
         blocks = subst (AllByRecursion (HoldsBlocks T)) (sym (same ∙ sym (at_hand i none))) k.blocks;
       };
-      small = record { returns = refl; sizes = refl; resets = refl };
+      small = record { returns = refl; sizes = refl; resets = refl; over = refl };
       more = λ T k x g. elim (more x g) [ inl before ↦ inl before | inr of ↦ inr (hashed_kept_of i none T k x of) ];
       refused = refused;
       follows = comes;

@@ -17,3 +17,5 @@ pub mod LeftLemmas
 pub mod LeaveLemmas
 pub mod SmallReads
 pub mod PackedLemmas
+pub mod ShortLemmas
+pub mod SpelledLemmas

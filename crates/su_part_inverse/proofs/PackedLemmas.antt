@@ -11,7 +11,7 @@ use Rattle.su_inverse.specs.Kept.{blocks_area, reset_area, size_area, HoldsBlock
 use Rattle.su_inverse.proofs.AreaListLemmas.{has-append}
 use Rattle.su_part_inverse.specs.Kept.{inode_area, return_area, runs, inverse_areas, HoldsInode, HoldsReturn, IsKeptOf}
 use Rattle.su_part_inverse.specs.Lefts.{Leaves}
-use Rattle.su_part_inverse.specs.Packed.{HasLarge, HasSmall, IsPackedAs, IsPackedIn, KeepsAlike, Spells, with_first, with_small}
+use Rattle.su_part_inverse.specs.Packed.{HasLarge, HasSmall, IsPackedAs, KeepsAlike, Spells, with_small}
 use Rattle.su_part_inverse.specs.declared.inverses.Inverse.{Inverse}
 use Rattle.su_part_inverse.specs.declared.packed.Packed.{Packed}
 
@@ -105,7 +105,7 @@ module _ {S A : Type 0} {G : S → List ℕ → Type 0} {C : S → S → Type 0}
       record {
         areas = λ c. ap (λ x. has x c) (sym b.areas) ∙ l.areas c ∙ ap (λ x. has x c) a.areas;
         kept = λ T k. b.so_before T (l.kept T (a.kept T k));
-        small = record { returns = refl; sizes = refl; resets = refl };
+        small = record { returns = refl; sizes = refl; resets = refl; over = l.small.over };
         more = λ T k x g. l.more T (a.kept T k) x g;
         refused = l.refused;
         follows = l.follows;
@@ -120,7 +120,7 @@ module _ {S A : Type 0} {G : S → List ℕ → Type 0} {C : S → S → Type 0}
     kept = λ T k.
         let large = l.kept T (alone T k) in
         record { inodes = large.inodes; returns = k.returns; sizes = k.sizes; resets = k.resets; blocks = large.blocks };
-    small = record { returns = refl; sizes = refl; resets = refl };
+    small = record { returns = refl; sizes = refl; resets = refl; over = l.small.over };
     more = λ T k x g. l.more T (alone T k) x g;
     refused = l.refused;
     follows = l.follows;
@@ -142,8 +142,8 @@ module _ {S A : Type 0} {G : S → List ℕ → Type 0} {C : S → S → Type 0}
 -- ---- an inverse is packed
 
 -- its view is the same
-pub view_same : (i j w : Inverse) → HasLarge i j → with_small j w ≡ with_small i w
-view_same i j w large = cc
+pub view_same : (i j w : Inverse) → HasLarge i j → j.over ≡ i.over → with_small j w ≡ with_small i w
+view_same i j w large over = cc
 
 spelled_as : (i w : Inverse) (p : Packed) → HasSmall i w.returns.items w.sizes.items w.resets.items → Spells p i.returns.items i.sizes.items i.resets.items → Spells p w.returns.items w.sizes.items w.resets.items
 spelled_as i w p small s =
@@ -152,23 +152,3 @@ spelled_as i w p small s =
 
 pub packed_so : (i j w : Inverse) (o : Option Packed) (p : Packed) → o ≡ None → HasSmall j [] [] [] → Spells p i.returns.items i.sizes.items i.resets.items → IsPackedAs i o w → IsPackedAs j (Some p) w
 packed_so i j w o p none empty s was = (empty, spelled_as i w p (subst (λ x. IsPackedAs i x w) none was) s)
-
--- ---- by the log
-
-module _ {S A : Type 0} {G : S → List ℕ → Type 0} {C : S → S → Type 0} (i j : Inverse) (s t : S) (r : Result A Refusal) (l : Leaves G C i j s t r) where
-  pub stays_in : (o : Option Packed) (xs : List (Inverse × Unit {0})) → IsPackedIn i o xs → IsPackedIn j o xs
-  stays_in o [] packed = absurd packed
-  stays_in o (pair ∷ xs) packed = packed_stays i j pair.0 s t r l o packed
-
-  pub left_in : (o : Option Packed) (xs : List (Inverse × Unit {0})) → IsPackedIn i o xs → Leaves G C (with_first i xs) (with_first j xs) s t r
-  left_in o [] packed = absurd packed
-  left_in o (pair ∷ xs) packed = whole_left i j pair.0 s t r l o packed
-
-module _ (i j : Inverse) (o : Option Packed) where
-  pub packs_in : (p : Option Packed) → ((w : Inverse) → IsPackedAs i o w → IsPackedAs j p w) → (xs : List (Inverse × Unit {0})) → IsPackedIn i o xs → IsPackedIn j p xs
-  packs_in p on [] packed = absurd packed
-  packs_in p on (pair ∷ xs) packed = on pair.0 packed
-
-  pub view_in : (xs : List (Inverse × Unit {0})) → HasLarge i j → IsPackedIn i o xs → with_first j xs ≡ with_first i xs
-  view_in [] large packed = absurd packed
-  view_in (pair ∷ xs) large packed = view_same i j pair.0 large

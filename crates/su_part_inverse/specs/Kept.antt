@@ -1,6 +1,6 @@
 -- What an inverse keeps of a forest of parts: the values that the cells of some areas hold in a
 -- tree. Of a whole inode that is what stands for it, of which parts may be left on a store.
-use Rattle.std.specs.Prelude.{◌≡◌, false, List, Option, Some, None, ◌++◌, map}
+use Rattle.std.specs.Prelude.{◌≡◌, false, List, [], Option, Some, None, ◌++◌, map}
 use Rattle.std.specs.Global.{Vec}
 use Rattle.std.specs.List.{AllByRecursion}
 use Rattle.std.specs.FinMap.{get}
@@ -88,6 +88,16 @@ pub record IsKeptOf (i : Inverse) (T : Tree) : Type 0 where
   pub sizes : AllByRecursion (HoldsSize T) i.sizes.items
   pub resets : AllByRecursion (HoldsReset T) i.resets.items
   pub blocks : AllByRecursion (HoldsBlocks T) (runs i)
+
+-- it keeps nothing
+pub record KeepsNothing (i : Inverse) : Type 0 where
+  pub inodes : i.inodes.items ≡ []
+  pub returns : i.returns.items ≡ []
+  pub sizes : i.sizes.items ≡ []
+  pub resets : i.resets.items ≡ []
+  pub blocks : i.blocks.items ≡ []
+  pub left : i.left ≡ None
+  pub over : i.over.items ≡ []
 
 -- T has the kept values in the areas, and those of F in all other cells
 pub record IsPutBack (i : Inverse) (F : Tree) (T : Tree) : Type 0 where

@@ -43,11 +43,12 @@ pub record PathsStayKnown (F G : Tree) (f g : PartForest) : Type 0 where
 
 -- ---- what leaving tells
 
--- j has what is small of i
+-- j has what is small of i, and what is in short
 pub record HasSmallOf (i j : Inverse) : Type 0 where
   pub returns : j.returns ≡ i.returns
   pub sizes : j.sizes ≡ i.sizes
   pub resets : j.resets ≡ i.resets
+  pub over : j.over ≡ i.over
 
 -- What leaving the inverse i on the store s tells, which it made j and t, when it answered r: whatever
 -- that is, what is kept is kept of the same cells and the same trees, and what is small stays as it is. The store may give items of a

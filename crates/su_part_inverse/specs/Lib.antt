@@ -5,3 +5,6 @@ pub mod Open
 pub mod Lefts
 pub mod Small
 pub mod Packed
+pub mod Short
+pub mod Noted
+pub mod Spelled

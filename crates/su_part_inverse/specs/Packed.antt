@@ -1,5 +1,5 @@
 -- An inverse of which what is small may be kept in bytes.
-use Rattle.std.specs.Prelude.{◌≡◌, List, [], ◌∷◌, ◌++◌, Option, Some, None}
+use Rattle.std.specs.Prelude.{◌≡◌, List, [], ◌++◌, Option, Some, None}
 use Rattle.std.specs.List.{flat_map}
 use Rattle.su_table.specs.Tree.{Tree}
 use Rattle.su_inverse.specs.declared.contents.KeptSize.{KeptSize}
@@ -44,16 +44,6 @@ abbrev pub IsPackedAs : Inverse → Option Packed → Inverse → Type 0
 IsPackedAs i None w = HasSmall i w.returns.items w.sizes.items w.resets.items
 IsPackedAs i (Some p) w =
     HasSmall i [] [] [] × Spells p w.returns.items w.sizes.items w.resets.items
-
--- i, with what is small of the first of a log that keeps inverses alone
-abbrev pub with_first : Inverse → List (Inverse × Unit {0}) → Inverse
-with_first i [] = i
-with_first i (pair ∷ pairs) = with_small i pair.0
-
--- what is small of the first of the log is that of i, or in the bytes
-abbrev pub IsPackedIn : Inverse → Option Packed → List (Inverse × Unit {0}) → Type 0
-IsPackedIn i o [] = ⊥
-IsPackedIn i o (pair ∷ pairs) = IsPackedAs i o pair.0
 
 -- j keeps what i keeps: of the same areas, and of the same trees
 pub record KeepsAlike (i j : Inverse) : Type 0 where

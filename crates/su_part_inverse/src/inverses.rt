@@ -15,11 +15,12 @@ ghost use Rattle.su_part_forest.specs.Forest.{Stands};
 ghost use Rattle.su_perform.specs.Loaded.{HasArea, HasAreas, wanted_for};
 ghost use Rattle.su_inverse.specs.Kept.{CanKeep};
 ghost use Rattle.su_inverse.specs.declared.resets.Reset.TheVariants.{Nothing as NothingReset};
-ghost use Rattle.su_part_inverse.specs.Kept.{kept_area, inverse_areas, HoldsKept, IsKeptOf};
+ghost use Rattle.su_part_inverse.specs.Kept.{kept_area, inverse_areas, HoldsKept, IsKeptOf, KeepsNothing};
 ghost use Rattle.su_part_inverse.specs.declared.inverses.Kept.TheVariants.{Reset as ResetKept};
 ghost use Rattle.su_bytes.specs.declared.refusals.Refusal.TheVariants.{MissingBlock, NoMemory};
 
 use crate::returns::{KeptInode, Return, name_at};
+use http_server::Log;
 use std::alloc::Global;
 use su_bytes::{FileId, GroupFile, Name, Place, Refusal};
 use su_inverse::{KeptBlocks, KeptSize, Reset};
@@ -40,11 +41,14 @@ pub struct Inverse {
     pub(crate) blocks: Vec<KeptBlocks>,
     /// Where the bytes of blocks are left on a store: the same runs, and `blocks` counts no more.
     pub(crate) left: Option<Vec<LeftBlocks>>,
+    /// Over which blocks something of it is kept in short, which proofs read. (`Log` is the kit's list
+    /// that no memory holds.)
+    pub(crate) over: Log<KeptBlocks, ()>,
 }
 
 /// What one area held.
 #[derive(Drop)]
-enum Kept {
+pub(crate) enum Kept {
     Inode(KeptInode),
     Return(Return),
     Size(KeptSize),
@@ -64,14 +68,7 @@ pub fn build(alloc: Global, forest: &PartForest, areas: &[Area]) -> Result<Inver
     ensures loaded { (T : Tree) → Stands forest.now T → HasAreas T forest.now areas.now
         → IfErr result (λ e. e ≡ NoMemory) }
 {
-    let mut inverse = Inverse {
-        inodes: Vec::new(alloc),
-        returns: Vec::new(alloc),
-        sizes: Vec::new(alloc),
-        resets: Vec::new(alloc),
-        blocks: Vec::new(alloc),
-        left: None,
-    };
+    let mut inverse = Inverse::nothing(alloc);
     for area in areas {
         inverse.add(keep(forest, area)?)?;
     }
@@ -79,6 +76,21 @@ pub fn build(alloc: Global, forest: &PartForest, areas: &[Area]) -> Result<Inver
 }
 
 impl Inverse {
+    /// Makes one that keeps nothing. Takes no memory.
+    pub(crate) fn nothing(alloc: Global) -> Inverse
+        ensures { KeepsNothing result }
+    {
+        Inverse {
+            inodes: Vec::new(alloc),
+            returns: Vec::new(alloc),
+            sizes: Vec::new(alloc),
+            resets: Vec::new(alloc),
+            blocks: Vec::new(alloc),
+            left: None,
+            over: Log::new(),
+        }
+    }
+
     /// Adds what one area more held, where all is at hand. Fails only with `NoMemory`.
     fn add(&mut self, kept: Kept) -> Result<(), Refusal>
         requires { self.old.left ≡ None }
@@ -102,7 +114,7 @@ impl Inverse {
 }
 
 /// Finds what the area holds. Refused as `build` is.
-fn keep(forest: &PartForest, area: &Area) -> Result<Kept, Refusal>
+pub(crate) fn keep(forest: &PartForest, area: &Area) -> Result<Kept, Refusal>
     ensures area { IfOk result (λ kept. kept_area kept ≡ area.now) }
     ensures holds { (T : Tree) → Stands forest.now T → CanKeep T area.now
         → IfOk result (λ kept. HoldsKept T kept) }

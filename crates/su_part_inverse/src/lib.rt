@@ -10,8 +10,11 @@ mod lefts;
 mod packed;
 mod resets;
 mod returns;
+mod short;
 mod small;
+mod spelled;
 mod undos;
+mod whole;
 mod wholes;
 
 pub use inverses::{Inverse, build};

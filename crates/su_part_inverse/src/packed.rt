@@ -1,5 +1,5 @@
 // What is small of an inverse, all of it in bytes.
-ghost use Rattle.std.specs.Prelude.{◌≡◌, List, IfOk, IfErr, OnOk, OnErr};
+ghost use Rattle.std.specs.Prelude.{◌≡◌, [], List, IfOk, IfErr, OnOk, OnErr};
 ghost use Rattle.su_bytes.specs.declared.refusals.Refusal.TheVariants.{NoMemory};
 ghost use Rattle.su_inverse.specs.declared.contents.KeptSize.{KeptSize as KeptSize_};
 ghost use Rattle.su_inverse.specs.declared.resets.Reset.{Reset as Reset_};
@@ -25,6 +25,18 @@ pub(crate) struct Packed {
 }
 
 impl Packed {
+    /// Makes one of nothing. Takes no memory.
+    pub(crate) fn nothing(alloc: Global) -> Packed
+        ensures { Spells result [] [] [] }
+    {
+        Packed {
+            bytes: Vec::new(alloc),
+            returns: 0,
+            sizes: 0,
+            resets: 0,
+        }
+    }
+
     /// Spells what is small of an inverse, in just as much room. Fails only with `NoMemory`.
     pub(crate) fn new(alloc: Global, inverse: &Inverse) -> Result<Packed, Refusal>
         ensures value { IfOk result (λ packed. Spells packed inverse.now.returns.items
@@ -50,6 +62,7 @@ impl Packed {
         ensures small { (rs : List Return_) (zs : List KeptSize_) (ss : List Reset_)
             → Spells self.now rs zs ss → OnOk result (HasSmall inverse.new rs zs ss) }
         ensures large { HasLarge inverse.old inverse.new }
+        ensures over { inverse.new.over ≡ inverse.old.over }
         ensures err { OnErr result (inverse.new ≡ inverse.old) }
         ensures refused { (rs : List Return_) (zs : List KeptSize_) (ss : List Reset_)
             → Spells self.now rs zs ss → IfErr result (λ e. e ≡ NoMemory) }

@@ -34,6 +34,7 @@ use Rattle.su_live.specs.Live.{insert_live}
 use Rattle.su_live.proofs.Public.{insert_live-last}
 use Rattle.su_stored_desk.specs.Keeping.{Keeps, KeptOperation}
 use Rattle.su_stored_desk.proofs.ByNumber.{all_below, kept_ascend}
+use Rattle.su_stored_desk.proofs.OverLemmas.{none_over, none_within}
 use Rattle.su_stored_desk.proofs.JoinedLemmas.{sound_kept}
 use Rattle.su_stored_desk.proofs.KeptOperations.{keeps_do, tree_kept}
 use Rattle.su_stored_desk.proofs.Replies.{refusal_of-do}
@@ -101,9 +102,9 @@ module _ (d : DeskState) (ks : List KeptOperation) (keeps : Keeps d.roster d.his
           ∙ (store_lawful d.roster).leaves (tree_of d) x (sound_kept d.roster d.history ks (tree_of d) keeps) (ap is_none (why_of ∙ accepted)) c (ap (λ w. has w c) (sym written) ∙ out)
 
       -- and what its cells held
-      pub keeps_done : (i : Inverse) (n : ℕ) → n ≡ length d.history + 1 → ((c : Cell) → has (inverse_areas i) c ≡ has fp.writes.items c) → IsKeptOf i (tree_of d)
+      pub keeps_done : (i : Inverse) (n : ℕ) → n ≡ length d.history + 1 → ((c : Cell) → has (inverse_areas i) c ≡ has fp.writes.items c) → IsKeptOf i (tree_of d) → i.over.items ≡ []
           → Keeps d.roster (d.history ++ entry_doing x ∷ []) (insert_live (record { number = n; footprint = fp; inverse = i }) ks) (tree_of (with_entry d (entry_doing x)))
-      keeps_done i n number areas kept =
+      keeps_done i n number areas kept whole =
           let k : KeptOperation = record { number = n; footprint = fp; inverse = i } in
           let done = keeps_do d.roster d.history ks (tree_of d) x k keeps fits (record {
             accepted = why_of ∙ accepted;
@@ -112,6 +113,8 @@ module _ (d : DeskState) (ks : List KeptOperation) (keeps : Keeps d.roster d.his
             writes = written;
             areas = areas;
             kept = kept;
+            within = none_within i whole fp.writes.items;
+            over = none_over i whole _;
           }) in
           let below = all_below ks [] k (kept_ascend d.roster (d.history ++ entry_doing x ∷ []) (ks ++ k ∷ []) _ done) in
           subst (λ xs. Keeps d.roster (d.history ++ entry_doing x ∷ []) xs (tree_of (with_entry d (entry_doing x)))) (sym (insert_live-last k ks below))

@@ -48,6 +48,7 @@ use Rattle.su_desk.proofs.FormatLemmas.{as_new_itself, by_change, fits, format_f
 use Rattle.su_stored_desk.proofs.Replies.{answer_refused}
 use Rattle.su_bytes.proofs.Public.{newest}
 use Rattle.su_stored_desk.proofs.KeptOperations.{keeps_do, tree_kept}
+use Rattle.su_stored_desk.proofs.OverLemmas.{none_over, none_within}
 use Rattle.su_stored_desk.proofs.ByNumber.{all_below, kept_ascend}
 use Rattle.su_stored_desk.proofs.TakingBack.{LedApart, led_apart, left_by}
 
@@ -182,9 +183,9 @@ together ro R a f (op ∷ ops) many = refl
 
 -- the desk is as if they had been made as one
 pub keeps_joined : (d : DeskState) (a : ℕ) (f : Format) (ops : List Op) (ks : List KeptOperation) (k : KeptOperation) (T : Tree) → Keeps d.roster (d.history ++ each_alone a f ops) ks T
-    → is_many (Do ops) ≡ true → format_refusal d.history f (Do ops) ≡ None → k.number ≡ length d.history + 1 → IsJoined d a f ops k.footprint → IsKeptBefore d k.footprint k.inverse
+    → is_many (Do ops) ≡ true → format_refusal d.history f (Do ops) ≡ None → k.number ≡ length d.history + 1 → IsJoined d a f ops k.footprint → IsKeptBefore d k.footprint k.inverse → k.inverse.over.items ≡ []
     → Keeps d.roster (d.history ++ entry_doing (action_by a f ops) ∷ []) (join_live k ks) T
-keeps_joined d a f ops ks k T keeps many has number joined before =
+keeps_joined d a f ops ks k T keeps many has number joined before whole =
     let ro = d.roster in
     let h = d.history in
     let x = action_by a f ops in
@@ -196,6 +197,8 @@ keeps_joined d a f ops ks k T keeps many has number joined before =
       writes = joined.writes ∙ ap (λ R. writes ro R x) (sym p.before);
       areas = before.areas;
       kept = subst (λ R. IsKeptOf k.inverse R) (sym p.before) before.kept;
+      within = none_within k.inverse whole k.footprint.writes.items;
+      over = none_over k.inverse whole _;
     }) in
     let up = subst Ascend p.whole (kept_ascend ro (h ++ each_alone a f ops) ks T keeps) in
     let list : join_live k ks ≡ p.front ++ k ∷ [] = ap (join_live k) p.whole ∙ in_their_place ro p.middle T (length h + 1) a f ops p.front p.rest k p.leads many number up in

@@ -17,6 +17,7 @@ use Rattle.su_op.specs.Batch.{Action}
 use Rattle.su_op.specs.Batch.{store}
 use Rattle.su_op.proofs.Public.{batch_block_written as block_written, none_is, batches_lawful as store_lawful}
 use Rattle.su_part_inverse.specs.Kept.{inverse_areas, IsPutBack}
+use Rattle.su_part_inverse.specs.Short.{HoldsOver}
 use Rattle.su_part_inverse.proofs.LawLemmas.{kept_again}
 use Rattle.su_undo.specs.System.{Agree}
 use Rattle.su_undo.proofs.TakingOut.{Beside, AllBeside, led_to, replay-cons, replayed_to, agree_read, leaves_others, past_it, stay_inside, same_outside}
@@ -34,6 +35,7 @@ use Rattle.su_desk.proofs.WhereApplied.{InReplay, AllInReplay, replay_reached, w
 use Rattle.su_desk.proofs.LiveNumbers.{undo_accepted}
 use Rattle.su_desk.proofs.Blockers.{UnreadBy, free_unread}
 use Rattle.su_desk.proofs.StandingFiles.{files_alike, all_files_stay}
+use Rattle.su_stored_desk.proofs.OverLemmas.{over_beside, over_stays}
 use Rattle.su_desk.proofs.Replays.{Replayed, first_sound, good_replayed, good_further, none_reads, undone_out}
 
 -- ---- lists of operations and what is kept of them
@@ -162,6 +164,8 @@ module _ (ro : Membership) where
           cells = λ c is. agree_read (store ro) (store_lawful ro) S S' x w b.clear b.agree c ((store_lawful ro).within S x c b.sound b.ok (wrote c is));
           files = λ p n is. files_alike ro w S S' x b p n (wrote (At p (BlockOf n)) is);
         }) fits.kept;
+        within = fits.within;
+        over = over_beside ro w S S' x b k.inverse (λ c is. ap (λ a. has a c) (sym fits.writes) ∙ fits.within c is) fits.over;
       }
 
   all_fit_beside : (w : List Area) (S S' T : Tree) (ts : List NumberedAction) (ks : List KeptOperation) → AllBeside (store ro) w S S' (actions ts) → Leads ro S ts ks T → Leads ro S' ts ks (led_to (store ro) S' (actions ts))
@@ -175,6 +179,7 @@ module _ (ro : Membership) where
     pub state : Tree
     pub leads : Leads ro S ts ks state
     pub back : IsPutBack k.inverse T state
+    pub over : HoldsOver T k.inverse
 
   file_back : (S R : Tree) (x : Action) (p : Place) → Agree (store ro) ((store ro).writes S x) R S → (is_file_at S p ≡ true → is_file_at R p ≡ true) → KindOrFile S p (has ((store ro).writes S x)) → is_file_at R p ≡ is_file_at S p
   file_back S R x p inside stays (inl kind) = ap is_file_kind (inside (At p KindOf) kind)
@@ -205,6 +210,7 @@ module _ (ro : Membership) where
           }) fits.kept;
           others = λ c out. sym (others c (sym (same c) ∙ out) ∙ ap (λ R. val R c) ends);
         };
+        over = subst (λ R. HoldsOver R k.inverse) ends (over_stays ro w after S (actions ts) k.inverse (λ c is. ap (λ a. has a c) (sym fits.writes) ∙ fits.within c is) b fits.over);
       }
 
   take_out_kept : (h : List Entry) (S T : Tree) (before after : List NumberedAction) (t : NumberedAction) (front rest : List KeptOperation) (k : KeptOperation) → Sound S → AreAsApplied ro h before front → AllInReplay ro h S (before ++ t ∷ after) T
@@ -212,7 +218,7 @@ module _ (ro : Membership) where
   take_out_kept h S T [] after t [] rest k sound a (s, in_replay) (fits, later) unread = first_out h S T t k after rest sound s in_replay fits later unread
   take_out_kept h S T (u ∷ before) after t (l ∷ front) rest k sound (is, others) (s, in_replay) (fits, later) unread =
       let r = take_out_kept h ((store ro).act S u.action) T before after t front rest k ((store_lawful ro).stays_sound S u.action sound s.goes.alike.ok) others in_replay later unread in
-      record { state = r.state; leads = (fits, r.leads); back = r.back }
+      record { state = r.state; leads = (fits, r.leads); back = r.back; over = r.over }
   take_out_kept h S T [] after t (l ∷ front) rest k sound a in_replay leads unread = absurd a
   take_out_kept h S T (u ∷ before) after t [] rest k sound a in_replay leads unread = absurd a
 
@@ -221,6 +227,7 @@ pub record KeepsUndone (ro : Membership) (h : List Entry) (e : Entry) (ks : List
   pub state : Tree
   pub keeps : Keeps ro (h ++ e ∷ []) ks state
   pub back : IsPutBack k.inverse T state
+  pub over : HoldsOver T k.inverse
 
 -- an operation is undone that nothing blocks
 pub keeps_undo : (ro : Membership) (h : List Entry) (front rest : List KeptOperation) (T : Tree) (a : ℕ) (f : Format) (n : ℕ) (k : KeptOperation) → Keeps ro h (front ++ k ∷ rest) T → k.number ≡ n → format_refusal h f (Undo n) ≡ None → undo_refusal ro h a n ≡ None
@@ -242,6 +249,7 @@ keeps_undo ro h front rest T a f n k keeps number has accepted =
         leads = subst (λ ts. Leads ro genesis ts (front ++ rest) r.state) (sym left) r.leads;
       };
       back = r.back;
+      over = r.over;
     }
 
 -- what an operation wrote, by its number

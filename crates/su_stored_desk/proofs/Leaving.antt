@@ -1,5 +1,5 @@
 -- What is kept of live operations is left on a store: it still fits the trees in which these come.
-use Rattle.std.proofs.Common.{◌≡◌, ◌∙◌, ℕ, Bool, true, false, cond, nat_eq, ◌⊎◌, inl, inr, List, [], ◌∷◌, None, Some, refl, sym, ap, subst}
+use Rattle.std.proofs.Common.{◌≡◌, ◌∙◌, ℕ, Bool, true, false, cond, nat_eq, ◌⊎◌, inl, inr, List, [], ◌∷◌, map, None, Some, refl, sym, ap, subst}
 use Rattle.std.specs.Global.{Vec}
 use Rattle.std.specs.Option.{is_none}
 use Rattle.su_block.specs.declared.sources.BlockSource.{Ghosts}
@@ -10,6 +10,8 @@ use Rattle.su_op.specs.Area.{has}
 use Rattle.su_op.specs.Batch.{store}
 use Rattle.su_undo.proofs.TakingOut.{replay-cons}
 use Rattle.su_part_forest.specs.Loading.{HashedFor}
+use Rattle.std.specs.List.{AllByRecursion}
+use Rattle.su_inverse.specs.Kept.{blocks_area, HoldsBlocks}
 use Rattle.su_part_inverse.specs.Kept.{inverse_areas, IsKeptOf}
 use Rattle.su_part_inverse.specs.declared.inverses.Inverse.{Inverse}
 use Rattle.su_stored_forest.proofs.Public.{holds_beside}
@@ -29,7 +31,7 @@ use Rattle.su_stored_desk.proofs.Clearness.{Known}
 
 -- What undoes it becomes another one, which keeps the same cells, and what they hold in each tree of
 -- which it was kept.
-module _ (ro : Membership) (k : KeptOperation) (left : Inverse) (areas : (c : Cell) → has (inverse_areas left) c ≡ has (inverse_areas k.inverse) c) (kept : (T : Tree) → IsKeptOf k.inverse T → IsKeptOf left T) where
+module _ (ro : Membership) (k : KeptOperation) (left : Inverse) (areas : (c : Cell) → has (inverse_areas left) c ≡ has (inverse_areas k.inverse) c) (kept : (T : Tree) → IsKeptOf k.inverse T → IsKeptOf left T) (over : left.over ≡ k.inverse.over) where
   fits_left : (T : Tree) (t : NumberedAction) → Fits ro T t k → Fits ro T t (record k { inverse = left })
   fits_left T t fits = record {
     accepted = fits.accepted;
@@ -38,6 +40,8 @@ module _ (ro : Membership) (k : KeptOperation) (left : Inverse) (areas : (c : Ce
     writes = fits.writes;
     areas = λ c. areas c ∙ fits.areas c;
     kept = kept T fits.kept;
+    within = λ c is. fits.within c (ap (λ o. has (map (λ q. blocks_area q.0) o.items) c) (sym over) ∙ is);
+    over = subst (λ o. AllByRecursion (λ q. HoldsBlocks ((store ro).act T t.action) q.0) o.items) (sym over) fits.over;
   }
 
   pub leads_left : (S T : Tree) (ts : List NumberedAction) (ks : List KeptOperation) (n : ℕ) → find_live n ks ≡ Some k → Leads ro S ts ks T → Leads ro S ts (with_inverse n left ks) T

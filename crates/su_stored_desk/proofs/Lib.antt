@@ -13,3 +13,5 @@ pub mod JoinedLemmas
 pub mod Doing
 pub mod Rightness
 pub mod Leaving
+pub mod OverLemmas
+pub mod Shortening

@@ -18,6 +18,7 @@ use Rattle.su_op.proofs.Public.{none_is, batches_lawful as store_lawful}
 use Rattle.std.proofs.lemmas.Bool.{both_ways}
 use Rattle.su_part_inverse.specs.declared.inverses.Inverse.{Inverse}
 use Rattle.su_part_inverse.specs.Kept.{inverse_areas, IsKeptOf, IsPutBack}
+use Rattle.su_part_inverse.specs.Short.{HoldsOver}
 use Rattle.su_part_inverse.proofs.LawLemmas.{kept_again}
 use Rattle.su_undo.specs.Replay.{replay as replay_actions}
 use Rattle.su_undo.proofs.TakingOut.{Beside, AllBeside, led_to, replay-cons, replayed_to, agree_read, past_it}
@@ -35,6 +36,7 @@ use Rattle.su_desk.proofs.WhereApplied.{replay_reached, written_of}
 use Rattle.su_desk.proofs.LiveNumbers.{live_number, live_operation, undo_accepted}
 use Rattle.su_desk.proofs.StandingFiles.{files_alike}
 use Rattle.su_desk.proofs.Replays.{tree_replayed, split_live, undone_out, free_none_reads, can_be_taken_out, goes_in_replay, good_has_tree, good_exact, live_done}
+use Rattle.su_stored_desk.proofs.OverLemmas.{over_back}
 use Rattle.su_stored_desk.proofs.ByNumber.{all_above, all_below, kept_ascend}
 use Rattle.su_stored_desk.proofs.KeptOperations.{replay_led, tree_kept, replayed_kept}
 
@@ -78,6 +80,7 @@ pub record LastKept (ro : Membership) (h : List Entry) (x : Action) (ks : List K
   pub keeps : Keeps ro h front earlier
   pub written : kept.footprint.writes.items ≡ writes ro (tree_after ro h) x
   pub back : IsPutBack kept.inverse T earlier
+  pub over : HoldsOver T kept.inverse
 
 pub last_done : (ro : Membership) (h : List Entry) (x : Action) (ks : List KeptOperation) (T : Tree) → Keeps ro (h ++ entry_doing x ∷ []) ks T → LastKept ro h x ks T
 last_done ro h x ks T keeps =
@@ -104,6 +107,7 @@ last_done ro h x ks T keeps =
         others = λ c out. ap (λ R. val R c) (sym r.ends)
             ∙ (store_lawful ro).leaves r.earlier x sound (ap is_none r.fits.accepted) c (sym (r.fits.areas c ∙ ap (λ w. has w c) r.fits.writes) ∙ out);
       };
+      over = subst (λ R. HoldsOver R r.kept.inverse) r.ends r.fits.over;
     }
 
 -- it is found by its number, and without it there is what was kept before
@@ -228,6 +232,8 @@ module _ (ro : Membership) where
           cells = λ c is. sym (agree_read (store ro) (store_lawful ro) S S' x w b.clear b.agree c ((store_lawful ro).within S x c b.sound b.ok (wrote c is)));
           files = λ p n is. sym (files_alike ro w S S' x b p n (wrote (At p (BlockOf n)) is));
         }) fits.kept;
+        within = fits.within;
+        over = over_back ro w S S' x b k.inverse (λ c is. ap (λ a. has a c) (sym (fits.writes ∙ b.goes.writes)) ∙ fits.within c is) fits.over;
       }
 
   all_fit_back : (w : List Area) (S S' T : Tree) (ts : List NumberedAction) (ks : List KeptOperation) → AllBeside (store ro) w S S' (actions ts) → Leads ro S' ts ks T → Leads ro S ts ks (led_to (store ro) S (actions ts))

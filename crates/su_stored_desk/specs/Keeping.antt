@@ -1,5 +1,5 @@
 -- What a desk keeps so that operations can be undone.
-use Rattle.std.specs.Prelude.{◌≡◌, ℕ, List, [], ◌∷◌, Some, None}
+use Rattle.std.specs.Prelude.{◌≡◌, ℕ, true, List, [], ◌∷◌, Some, None}
 use Rattle.su_bytes.specs.Membership.{Membership}
 use Rattle.su_table.specs.Tree.{Tree, genesis}
 use Rattle.su_table.specs.Cell.{Cell}
@@ -7,6 +7,7 @@ use Rattle.su_op.specs.Area.{has}
 use Rattle.su_op.specs.Batch.{why, reads, writes}
 use Rattle.su_op.specs.Batch.{store}
 use Rattle.su_part_inverse.specs.Kept.{inverse_areas, IsKeptOf, IsPutBack}
+use Rattle.su_part_inverse.specs.Short.{over_areas, HoldsOver}
 use Rattle.su_part_inverse.specs.declared.inverses.Inverse.{Inverse}
 use Rattle.su_live.specs.declared.operations.LiveOperation.{LiveOperation}
 use Rattle.su_live.specs.Live.{find_live}
@@ -19,7 +20,8 @@ abbrev pub KeptOperation : Type 0
 KeptOperation = LiveOperation Inverse
 
 -- The operation is accepted in T; and what is kept of it is its number, the cells that it reads and
--- writes there, and what those that it writes hold in T.
+-- writes there, and what those that it writes hold in T. Where that is in short, it is so over what the
+-- operation leaves in some of them.
 pub record Fits (ro : Membership) (T : Tree) (t : NumberedAction) (k : KeptOperation) : Type 0 where
   pub accepted : why ro T t.action ≡ None
   pub number : k.number ≡ t.number
@@ -27,6 +29,9 @@ pub record Fits (ro : Membership) (T : Tree) (t : NumberedAction) (k : KeptOpera
   pub writes : k.footprint.writes.items ≡ writes ro T t.action
   pub areas : (c : Cell) → has (inverse_areas k.inverse) c ≡ has k.footprint.writes.items c
   pub kept : IsKeptOf k.inverse T
+  pub within : (c : Cell) → has (over_areas k.inverse) c ≡ true
+      → has k.footprint.writes.items c ≡ true
+  pub over : HoldsOver ((store ro).act T t.action) k.inverse
 
 -- from S the operations lead to T, and what is kept of each fits the tree where it is applied
 abbrev pub Leads : Membership → Tree → List NumberedAction → List KeptOperation → Tree → Type 0
@@ -46,8 +51,9 @@ pub record Keeps (ro : Membership) (h : List Entry) (ks : List KeptOperation) (T
 abbrev pub AreKept : Membership → List Entry → List KeptOperation → Type 0
 AreKept ro h ks = (T : Tree) × Keeps ro h ks T
 
--- what is kept of operation n makes T of F
+-- what is kept of operation n makes T of F, where that stands over which it is in short
 pub record PutsBack (ks : List KeptOperation) (n : ℕ) (F T : Tree) : Type 0 where
   pub operation : KeptOperation
   pub there : find_live n ks ≡ Some operation
   pub back : IsPutBack operation.inverse F T
+  pub over : HoldsOver F operation.inverse

@@ -24,6 +24,7 @@ ghost use Rattle.su_stored_desk.specs.Tried.{IsKept};
 
 mod attempts;
 mod joining;
+mod shortening;
 
 use crate::kept::{check_live, check_undo};
 use crate::versions::{first_versions, raise};
@@ -253,6 +254,7 @@ impl<S: BlockSource> Desk<S> {
         };
         let footprint = accepted.footprint(self.alloc)?;
         let inverse = self.stored.keep(self.alloc, footprint.writes.as_slice())?;
+        let inverse = KeptInverse::new(self.alloc, inverse)?;
         let kept = KeptFootprint::new(self.alloc, &footprint)?;
         self.entries.reserve(1)?;
         let operations = KeptBatch::new(self.alloc, &batch)?;
@@ -260,7 +262,7 @@ impl<S: BlockSource> Desk<S> {
         let operation = LiveOperation {
             number,
             footprint: kept,
-            inverse: KeptInverse::new(inverse),
+            inverse,
         };
         let Ok(()) = self.kept.add(operation) else {
             return Err(Refusal::NoMemory);
@@ -349,17 +351,9 @@ impl<S: BlockSource> Desk<S> {
         let Some(kept) = self.kept.replace_inverse(number, nothing) else {
             return Ok(());
         };
-        match kept.open(self.alloc) {
-            Ok(open) => {
-                let answer = self.stored.undo(self.alloc, open.inverse());
-                self.kept.replace_inverse(number, open.close());
-                answer
-            }
-            Err((kept, refusal)) => {
-                self.kept.replace_inverse(number, kept);
-                Err(refusal)
-            }
-        }
+        let (kept, answer) = self.stored.undo_kept(self.alloc, kept);
+        self.kept.replace_inverse(number, kept);
+        answer
     }
 
     /// Names the author's next key in that format, which has that, and adds it to the history. The

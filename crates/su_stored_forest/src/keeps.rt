@@ -5,6 +5,8 @@ ghost use Rattle.su_inverse.specs.Kept.{CanKeep};
 ghost use Rattle.su_inverse.specs.Whole.{KindsChangeWhole};
 ghost use Rattle.su_op.specs.Area.{has};
 ghost use Rattle.su_part_inverse.specs.Kept.{inverse_areas, IsKeptOf};
+ghost use Rattle.su_part_inverse.specs.Packed.{KeepsAlike};
+ghost use Rattle.su_part_inverse.specs.Short.{over_areas, HoldsOver};
 ghost use Rattle.su_reading.specs.Reading.{Finds};
 ghost use Rattle.su_table.specs.Cell.{Cell};
 ghost use Rattle.su_table.specs.Tree.{Tree};
@@ -14,10 +16,10 @@ use std::alloc::Global;
 use su_block::BlockSource;
 use su_bytes::Refusal;
 use su_op::Area;
-use su_part_inverse::{Inverse, build, build_whole};
+use su_part_inverse::{Inverse, KeptInverse, build, build_whole};
 
 impl<S: BlockSource> StoredForest<S> {
-    ghost use Rattle.su_stored_forest.specs.Shows.{Shows, Fails, Follows};
+    ghost use Rattle.su_stored_forest.specs.Shows.{Holds, Shows, Fails, Follows};
 
     /// Keeps the value of every cell of the areas: loads what stands in them. A kind can be kept only
     /// of a place where nothing stands. Refused as a load is.
@@ -47,5 +49,17 @@ impl<S: BlockSource> StoredForest<S> {
     {
         self.load(areas)?;
         build_whole(alloc, &self.forest, areas)
+    }
+
+    /// Shortens what is kept where that stands in the forest, and of which no more than so many bytes
+    /// were replaced, as `KeptInverse::shorten` does. Nothing is loaded; where that fails, nothing
+    /// changes.
+    pub fn shorten(&self, alloc: Global, kept: &mut KeptInverse, most: usize) -> Result<(), Refusal>
+        ensures alike { KeepsAlike kept.old kept.new }
+        ensures over { (T : Tree) → Holds self.now T → HoldsOver T kept.old → HoldsOver T kept.new }
+        ensures within { (c : Cell) → has (over_areas kept.new) c ≡ true
+            → has (inverse_areas kept.new) c ≡ true }
+    {
+        kept.shorten(alloc, &self.forest, most)
     }
 }

@@ -65,6 +65,7 @@ impl<S: BlockSource> Desk<S> {
         match change {
             Change::Do(batch) => {
                 self.operate(format, author, batch)?;
+                self.shorten_last();
                 Ok(Tried {
                     versions,
                     means: Means::Kept,

@@ -72,6 +72,7 @@ impl<S: BlockSource> Desk<S> {
     {
         let author = entry.author;
         let mut counters = Vec::from_slice(self.alloc, numbers)?;
+        let inverse = KeptInverse::new(self.alloc, inverse)?;
         let kept = KeptFootprint::new(self.alloc, &footprint)?;
         self.entries.reserve(1)?;
         let change = KeptChange::new(self.alloc, &entry.change)?;
@@ -79,7 +80,7 @@ impl<S: BlockSource> Desk<S> {
         let operation = LiveOperation {
             number: before as u64 + 1,
             footprint: kept,
-            inverse: KeptInverse::new(inverse),
+            inverse,
         };
         let Ok(()) = self.kept.join(operation) else {
             return Err(Refusal::NoMemory);

@@ -8,6 +8,9 @@ use Rattle.su_desk.specs.Version.{cells_of}
 use Rattle.su_desk.specs.declared.entries.Entry.{Entry}
 use Rattle.su_desk.proofs.VersionNumbers.{counters_next, versions_within}
 use Rattle.su_inverse.specs.Kept.{CanKeep}
+use Rattle.su_part_inverse.specs.Kept.{inverse_areas, IsKeptOf}
+use Rattle.su_part_inverse.specs.declared.inverses.Inverse.{Inverse}
+use Rattle.su_table.specs.Cell.{Cell}
 use Rattle.su_op.specs.Area.{has}
 use Rattle.su_op.specs.declared.operations.Op.{Op}
 use Rattle.su_op.specs.declared.operations.Change.TheVariants.{Do}
@@ -53,6 +56,16 @@ returns-in_err-kept-clause-right g c sure =
     let T = tree_of (state_of s) in
     let still = c.in_ok-inverse.ensures.finds.still T (c.in-Ok.ensures.finds.still T (shows _ s sure)) in
     asked_right s _ sure.right (shows_holds _ _ _ still)
+
+pub returns-in_err-inverse-2-clause-right : goal.returns-in_err-inverse-2-clause-right
+returns-in_err-inverse-2-clause-right g c sure =
+    let s = c.args.self.now in
+    let T = tree_of (state_of s) in
+    let still = c.in_ok-inverse.ensures.finds.still T (c.in-Ok.ensures.finds.still T (shows _ s sure)) in
+    asked_right s _ sure.right (shows_holds _ _ _ still)
+
+pub returns-in_err-inverse-2-clause-source : goal.returns-in_err-inverse-2-clause-source
+returns-in_err-inverse-2-clause-source g c = one_more _ _ g.met.S.BlockSource.follows_on _ _ _ (came c.in-Ok.ensures.finds.comes) (came c.in_ok-inverse.ensures.finds.comes)
 
 pub returns-in_err-operations-clause-right : goal.returns-in_err-operations-clause-right
 returns-in_err-operations-clause-right g c sure =
@@ -148,14 +161,18 @@ returns-clause-right g c sure =
     = c.push_reserved.ensures.items ∙ ap (λ (x : Entry). c.reserve.new.self.items ++ x ∷ []) (c.new-4.ensures ∙ ap (λ (os : List Op). entry_by a f (Do os)) c.in_ok-operations.ensures) ∙ ap (λ h. h ++ e ∷ []) c.in_ok-reserve.ensures.items in
     let n = c.len.result + 1 in
     let number : n ≡ length s.entries.items + 1 = omega (arith, c.len.ensures, c.reserve.new.self.ok.0, ap length c.in_ok-reserve.ensures.items) in
-    let k : KeptOperation = record { number = n; footprint = fp; inverse = c.in_ok-inverse.inverse } in
+    let i : Inverse = c.in_ok-inverse-2.inverse in
+    let own = c.in_ok-inverse-2.ensures.kept in
+    let areas : (x : Cell) → has (inverse_areas i) x ≡ has fp.writes.items x = λ x. ap (λ (y : Inverse). has (inverse_areas y) x) own ∙ c.in_ok-inverse.ensures.areas x ∙ ap (λ w. has w x) c.as_slice.ensures.value in
+    let kept-2 : IsKeptOf i T = subst (λ (y : Inverse). IsKeptOf y T) (sym own) (record { inodes = kept.inodes; returns = kept.returns; sizes = kept.sizes; resets = kept.resets; blocks = kept.blocks }) in
+    let k : KeptOperation = record { number = n; footprint = fp; inverse = i } in
     let all : c.add.new.self ≡ insert_live k ks
-    = c.in-Ok-add.ensures.ok ∙ (λ j. insert_live (record { number = n; footprint = c.in_ok-kept.ensures.value j; inverse = c.new-3.ensures j }) ks) in
+    = c.in-Ok-add.ensures.ok ∙ (λ j. insert_live (record { number = n; footprint = c.in_ok-kept.ensures.value j; inverse = i }) ks) in
     let written : c.as_slice-2.result.now ≡ cells_of s.roster s.entries.items e = c.as_slice-2.ensures.value ∙ cells d ks keeps a f ops op is fits found.0 y found.1 fp read wrote in
     let small : length s.entries.items + 1 < 2 ^ 64 = let m = c.reserve.new.self.small in let l = s.entries.small in omega (arith, s.entries.ok.0, c.in_ok-reserve.ensures.ok, c.in_ok-reserve.ensures.len) in
     right_at _ (with_entry d e) (ap (λ h. record { roster = s.roster; history = h }) entries)
     (subst (λ l. Keeps s.roster (s.entries.items ++ e ∷ []) l (tree_of (with_entry d e))) (sym all)
-    (keeps_done d ks keeps a f ops op is fits found.0 y found.1 fp read wrote c.in_ok-inverse.inverse n number (λ x. c.in_ok-inverse.ensures.areas x ∙ ap (λ w. has w x) c.as_slice.ensures.value) kept))
+    (keeps_done d ks keeps a f ops op is fits found.0 y found.1 fp read wrote i n number areas kept-2 c.in_ok-inverse-2.ensures.whole))
     holds
     (counters_next s.roster s.entries.items e c.as_slice-2.result.now s.counters.len s.counters.items c.deref_mut.result.now c.raise.new.versions _ written sure.right.counters s.counters.ok.0 c.deref_mut.ensures.value
     (c.raise.ensures.raised (subst (All (λ (v : Principal × ℕ). v.1 + 1 < 2 ^ 64)) (sym (c.deref_mut.ensures.value ∙ sure.right.counters)) (versions_within s.roster s.entries.items small))))

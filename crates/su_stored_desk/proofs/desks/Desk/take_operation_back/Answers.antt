@@ -37,6 +37,7 @@ is_last s d x n right is last =
         operation = l.kept;
         there = ap (λ m. find_live m s.kept) long ∙ there.0;
         back = subst (IsPutBack l.kept.inverse T) (keeps_tree d.roster d.history l.front l.earlier l.keeps) l.back;
+        over = l.over;
       };
       left = ap (λ m. without m s.kept) long ∙ there.1;
     }

@@ -49,7 +49,7 @@ returns-in_err-put_back-clause-right g c sure =
     let n = c.args.number in
     let there = is_there n s.kept c.in_ok-written.ensures.kept in
     let u = undone_there s.roster s.entries.items s.kept there.operation T c.args.author c.args.format n (found s.roster s.entries.items s.kept there.operation n T sure.right.keeps there.found) c.requires (c.in_ok-written.ensures.accepted sure.right) in
-    let back : PutsBack s.kept n T u.state = record { operation = there.operation; there = there.found; back = u.back } in
+    let back : PutsBack s.kept n T u.state = record { operation = there.operation; there = there.found; back = u.back; over = u.over } in
     right_at q (state_of s) (ap state_of same ∙ ap (λ h. record { roster = s.roster; history = h }) c.in_ok-reserve.ensures.items)
     (subst (λ l. Keeps s.roster s.entries.items l T) (sym (ap (λ y. y.kept) same)) sure.right.keeps)
     (shows_holds _ _ _ (c.in_err-put_back.ensures.err T u.state (shows _ s sure) back))
@@ -64,7 +64,7 @@ returns-in_err-put_back-clause-refused g c sure =
     let there = is_there n s.kept c.in_ok-written.ensures.kept in
     let u = undone_there s.roster s.entries.items s.kept there.operation T c.args.author c.args.format n (found s.roster s.entries.items s.kept there.operation n T sure.right.keeps there.found) c.requires (c.in_ok-written.ensures.accepted sure.right) in
     refused_by _ c.from_residual-in_err-put_back.result c.in_err-put_back.field-0.0 c.from_residual-in_err-put_back.ensures.1
-    (inl (c.in_err-put_back.ensures.refused T u.state (shows _ s sure) (record { operation = there.operation; there = there.found; back = u.back })))
+    (inl (c.in_err-put_back.ensures.refused T u.state (shows _ s sure) (record { operation = there.operation; there = there.found; back = u.back; over = u.over })))
 
 pub returns-clause-right : goal.returns-clause-right
 returns-clause-right g c sure =
@@ -77,7 +77,7 @@ returns-clause-right g c sure =
     let d : DeskState = with_entry (state_of s) e in
     let there = is_there n s.kept c.in_ok-written.ensures.kept in
     let u = undone_there s.roster s.entries.items s.kept there.operation T c.args.author c.args.format n (found s.roster s.entries.items s.kept there.operation n T sure.right.keeps there.found) c.requires (c.in_ok-written.ensures.accepted sure.right) in
-    let back : PutsBack s.kept n T u.state = record { operation = there.operation; there = there.found; back = u.back } in
+    let back : PutsBack s.kept n T u.state = record { operation = there.operation; there = there.found; back = u.back; over = u.over } in
     let tree : u.state ≡ tree_of d = keeps_tree s.roster d.history _ u.state u.keeps in
     let roster : q.roster ≡ s.roster = ap (λ y. y.roster) same in
     let entries : c.push_reserved.new.self.items ≡ s.entries.items ++ e ∷ []

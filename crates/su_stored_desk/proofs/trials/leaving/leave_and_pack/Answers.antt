@@ -29,6 +29,7 @@ returns g c =
         returns = ap (λ (i : Inverse). i.returns) same ∙ left.small.returns;
         sizes = ap (λ (i : Inverse). i.sizes) same ∙ left.small.sizes;
         resets = ap (λ (i : Inverse). i.resets) same ∙ left.small.resets;
+        over = ap (λ (i : Inverse). i.over) same ∙ left.small.over;
       };
       more = left.more;
       refused = IfErr-weaker c.pack.result _ _ (λ e none. inr none) c.pack.ensures.refused;

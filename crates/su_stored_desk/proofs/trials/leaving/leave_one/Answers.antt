@@ -25,7 +25,7 @@ returns-clause-leads g c ro F T ts leads =
     let left = c.leave_and_pack-answer.ensures in
     let list : c.replace_inverse-2.new.self ≡ with_inverse n j ks = c.replace_inverse-2.ensures.others ∙ ap (with_inverse n j) c.in-Some.ensures.others ∙ put_twice n c.nothing-nothing.result j ks in
     subst (λ (l : List KeptOperation). Leads ro F ts l T) (sym list)
-    (leads_left ro t.operation j (λ x. left.areas x ∙ ap (λ (i : Inverse). has (inverse_areas i) x) t.same) (λ X held. left.kept X (subst (λ (i : Inverse). IsKeptOf i X) (sym t.same) held)) F T ts ks n t.found leads)
+    (leads_left ro t.operation j (λ x. left.areas x ∙ ap (λ (i : Inverse). has (inverse_areas i) x) t.same) (λ X held. left.kept X (subst (λ (i : Inverse). IsKeptOf i X) (sym t.same) held)) (left.small.over ∙ ap (λ (i : Inverse). i.over) t.same) F T ts ks n t.found leads)
 
 pub returns-clause-more : goal.returns-clause-more
 returns-clause-more g c ro F T ts leads =
