@@ -8,13 +8,15 @@ usage: etcd.py [PART..]
 Prints what was seen, a line for each case that isn't as it should be, and last 'N passed, M failed'.
 """
 import base64
+import contextlib
 import json
-import os
+import random
 import shutil
 import signal
 import subprocess
 import sys
 import tempfile
+import threading
 import time
 import urllib.error
 import urllib.request
@@ -25,6 +27,8 @@ from serving import Running, free_port
 
 MEMBERS = 3
 COMMITS = 30  # of a client before each kill
+ROUNDS = 6
+LONGEST_ROUND = 1.5  # seconds from the first commit of a round to its kill, at most
 TTL = 5  # seconds of the lease
 WAIT = 40  # seconds in which a server that stands by has to lead
 
@@ -219,6 +223,43 @@ def kills(at):
             yield "and_shows_them", shown(room, third.port, user=1) == {*named(b"a"), *named(b"b")}
 
 
+def rounds(at):
+    """A server is killed at some moment while a client commits, time and again, in every other round with etcd's leader; of what was
+    acknowledged nothing is missing, and at most one commit a round is there besides."""
+    room, stored, chance = storing.Room(at), set(), random.Random("rounds")
+    with Etcd(at) as etcd, contextlib.ExitStack() as servers:
+        server = servers.enter_context(Leading(room, etcd))
+        yield f"leads: {server.said}", server.listens() == 0
+        for number in range(ROUNDS):
+            later = servers.enter_context(Leading(room, etcd))
+            downed = []
+
+            def kill(server=server, downed=downed, number=number):
+                if number % 2:
+                    downed.append(etcd.kill_leader())
+                server.kill()
+
+            with room.client(server.port, 0) as client:
+                timer = threading.Timer(chance.uniform(0.2, LONGEST_ROUND), kill)
+                timer.start()
+                for it in range(10000):
+                    name = b"r%d_%d" % (number, it)
+                    if not client.say(b"mkdir /" + name)[-1].startswith(b"ok "):
+                        break
+                    stored.add(name)
+                timer.join()
+            killed = time.monotonic()
+            records = later.listens()
+            print(f"round {number}: {len(stored)} commits acknowledged so far, {records} taken up {time.monotonic() - killed:.2f} s after the kill")
+            there = shown(room, later.port)
+            yield f"round_{number}_lacks_none: {len(stored - there)}", stored <= there
+            yield f"round_{number}_has_few_besides: {len(there)} {records}", len(there) == records <= len(stored) + number + 1
+            for member in downed:
+                etcd.start(member)
+                etcd.await_leader()
+            server = later
+
+
 def pauses(at):
     """A server that stands still for longer than its lease adds nothing when it goes on, and answers nobody."""
     room = storing.Room(at)
@@ -283,7 +324,7 @@ def faults(at):
             yield f"a_line_that_is_wrong: {told}", status == 2 and any(part in it for it in told)
 
 
-PARTS = (requests, kills, pauses, ends, faults)
+PARTS = (requests, kills, rounds, pauses, ends, faults)
 
 
 def main(wanted):
