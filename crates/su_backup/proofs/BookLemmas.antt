@@ -1,19 +1,18 @@
 -- What the records of a closed book are, by what its one seat knows.
-use Rattle.std.proofs.Common.{◌≡◌, ◌⊎◌, ℕ, zero, suc, ◌+◌, ◌-◌, ◌<◌, ◌≤◌, List, [], ◌∷◌, length, map, Option, Some, None, get_or, refl, ap, sym, ◌∙◌, subst, arith, inl, inr, slice_get, IfSome, IfOk, Result, Ok, Err}
+use Rattle.std.proofs.Common.{◌≡◌, ◌⊎◌, ℕ, zero, suc, ◌+◌, ◌-◌, ◌<◌, ◌≤◌, List, [], ◌∷◌, length, Option, Some, None, get_or, refl, ap, sym, ◌∙◌, subst, arith, inl, inr, slice_get, IfSome, IfOk, Result, Ok, Err}
 use Rattle.std.specs.List.Sorted.{IsPermutation}
 use Rattle.std.specs.List.{sum_by}
 use Rattle.std.specs.Option.{option_map}
 use Rattle.std.proofs.lemmas.List.Sums.{sum_by-cons}
-use Rattle.std.proofs.lemmas.Option.{none-some, same_Some, slice_get-map, slice_get_within, slice_get_cases, slice_get-get_or}
+use Rattle.std.proofs.lemmas.Option.{none-some, slice_get-map, slice_get_within, slice_get_cases, slice_get-get_or}
 use Rattle.std.proofs.lemmas.List.Sorted.{Contains-permutation}
 use Rattle.su_book.specs.declared.steps.Step.{Step}
 use Rattle.su_message.specs.declared.requests.Request.TheVariants.{Fetch}
 use Rattle.su_message.specs.declared.replies.Reply.TheVariants.{Kept}
 use Rattle.su_client.specs.Link.{LinkState, Exchanged}
-use Rattle.su_keeper.specs.Kept.{KeptRecord}
 use Rattle.su_shared.specs.Entry.{Entry, IsShown, kept_as}
 use Rattle.su_shared.specs.Seats.{SeatView, known_at}
-use Rattle.su_shared.specs.Shares.{IsNumbered, Knows, EachStands, kept_all}
+use Rattle.su_shared.specs.Shares.{IsNumbered, Knows, EachStands}
 use Rattle.su_shared.specs.declared.seats.Kept.{Kept as SeatKept}
 use Rattle.su_backup.specs.declared.faults.BackupFault.{BackupFault}
 use Rattle.su_backup.specs.Copied.{EndsAt, GivesAll, IsLastOf, GoesOn, GivesLast, IsCopied, numbered}
