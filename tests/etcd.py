@@ -240,17 +240,22 @@ def rounds(at):
                 server.kill()
 
             with room.client(server.port, 0) as client:
-                timer = threading.Timer(chance.uniform(0.2, LONGEST_ROUND), kill)
-                timer.start()
+                timer = threading.Timer(chance.uniform(0.05, LONGEST_ROUND), kill)
                 for it in range(10000):
-                    name = b"r%d_%d" % (number, it)
-                    if not client.say(b"mkdir /" + name)[-1].startswith(b"ok "):
+                    if it == 1:
+                        timer.start()
+                    name = b"r%dx%d" % (number, it)
+                    answers = client.say(b"mkdir /" + name)
+                    if not answers or not answers[-1].startswith(b"ok "):
                         break
                     stored.add(name)
                 timer.join()
             killed = time.monotonic()
             records = later.listens()
-            print(f"round {number}: {len(stored)} commits acknowledged so far, {records} taken up {time.monotonic() - killed:.2f} s after the kill")
+            told = [line for line in server.told.rest() if line]
+            if told:
+                print(f"the server that was killed told {told}")
+            print(f"round {number}: {len(stored)} commits acknowledged so far, {records} taken up {time.monotonic() - killed:.2f} s after the kill; the client's last answer was {answers}")
             there = shown(room, later.port)
             yield f"round_{number}_lacks_none: {len(stored - there)}", stored <= there
             yield f"round_{number}_has_few_besides: {len(there)} {records}", len(there) == records <= len(stored) + number + 1
