@@ -208,12 +208,7 @@ impl<'a, W: Wire, C: Clock> Engine for Etcd<'a, W, C> {
 
     ghost lacked = { λ e. Lacked (λ t q r. W.told e.wire t q r) };
 
-    fn put_once(
-        &mut self,
-        alloc: Global,
-        first: &Pair,
-        beside: &[Pair],
-    ) -> Result<bool, Unanswered>
+    fn put_once(&mut self, alloc: Global, first: &Pair, beside: &[Pair]) -> Result<bool, Unanswered>
         ensures made { IfOk result (λ is. is ≡ true → (p : List ℕ × List ℕ)
             → Contains ((first.now.key.items, first.now.value.items) ∷ pairs_of beside.now) p
             → Has (λ t q r. W.told self.new.wire t q r) self.new.lead p.0 p.1) }
