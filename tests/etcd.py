@@ -249,7 +249,10 @@ def rounds(at):
                     if not answers or not answers[-1].startswith(b"ok "):
                         break
                     stored.add(name)
-                timer.join()
+                if it:
+                    timer.join()
+                else:
+                    kill()
             killed = time.monotonic()
             records = later.listens()
             told = [line for line in server.told.rest() if line]
@@ -257,6 +260,7 @@ def rounds(at):
                 print(f"the server that was killed told {told}")
             print(f"round {number}: {len(stored)} commits acknowledged so far, {records} taken up {time.monotonic() - killed:.2f} s after the kill; the client's last answer was {answers}")
             there = shown(room, later.port)
+            yield f"round_{number}_began: {answers}", it > 0
             yield f"round_{number}_lacks_none: {len(stored - there)}", stored <= there
             yield f"round_{number}_has_few_besides: {len(there)} {records}", len(there) == records <= len(stored) + number + 1
             for member in downed:

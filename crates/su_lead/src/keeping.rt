@@ -13,7 +13,7 @@ use su_etcd::{Wire, keep_alive};
 /// How many milliseconds lie between two looks.
 const LOOK: u64 = 100;
 
-/// After how many milliseconds the lease is asked for again.
+/// After how many milliseconds the lease is asked for again, once it was answered.
 const BEAT: u64 = 1000;
 
 /// Asks once that the lease be kept alive, at this moment of a clock in milliseconds, and returns up
@@ -32,15 +32,20 @@ pub fn renew<W: Wire>(
     Ok(until(asked, left))
 }
 
-/// Asks once, and notes what was told. Nothing is noted where no reply comes.
-fn beat<W: Wire>(alloc: Global, wire: &mut W, lead: &Lead, lease: u64, asked: u64) {
-    if let Ok(until) = renew(alloc, wire, lease, asked) {
-        lead.renew(until);
+/// Asks once, notes what was told, and returns after how many milliseconds to ask again: soon where
+/// no reply came, as another member may answer.
+fn beat<W: Wire>(alloc: Global, wire: &mut W, lead: &Lead, lease: u64, asked: u64) -> u64 {
+    match renew(alloc, wire, lease, asked) {
+        Ok(until) => {
+            lead.renew(until);
+            BEAT
+        }
+        Err(_) => LOOK,
     }
 }
 
-/// Waits until the lead is taken, and keeps its lease alive from then on, once a second. Returns
-/// whether it was lost; if not, the server is to end.
+/// Waits until the lead is taken, and keeps its lease alive from then on, once a second, or more often
+/// where no reply comes. Returns whether it was lost; if not, the server is to end.
 pub fn keep_lead<W: Wire, C: Clock, E: Watch>(
     alloc: Global,
     clock: &C,
@@ -58,8 +63,7 @@ pub fn keep_lead<W: Wire, C: Clock, E: Watch>(
         }
         match (lead.lease(), now(clock)) {
             (Some(lease), Some(now)) if next <= now => {
-                beat(alloc, wire, lead, lease, now);
-                next = now.saturating_add(BEAT);
+                next = now.saturating_add(beat(alloc, wire, lead, lease, now));
             }
             _ => thread::sleep(clock, Duration::from_millis(LOOK)),
         }
