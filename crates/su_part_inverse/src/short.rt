@@ -152,9 +152,7 @@ fn alike_behind(bytes: &[u8], others: &[u8]) -> usize
 {
     let most = bytes.len().min(others.len());
     let mut alike = 0;
-    while alike < most
-        && bytes[bytes.len() - alike - 1] == others[others.len() - alike - 1]
-    {
+    while alike < most && bytes[bytes.len() - alike - 1] == others[others.len() - alike - 1] {
         alike += 1;
     }
     alike
