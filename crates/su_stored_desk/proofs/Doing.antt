@@ -7,7 +7,7 @@ use Rattle.su_inverse.specs.Kept.{CanKeep}
 use Rattle.su_inverse.proofs.Public.{writes_kept}
 use Rattle.su_op.specs.Action.{action_by as one_by, is_many}
 use Rattle.su_op.specs.Area.{has}
-use Rattle.su_op.specs.Batch.{Action, action_by, why, effect, reads, writes}
+use Rattle.su_op.specs.Batch.{store, Action, action_by, why, effect, reads, writes}
 use Rattle.su_op.specs.Operation.{why as why_one, effect as effect_of_one, reads as reads_of_one, writes as writes_of_one}
 use Rattle.su_op.specs.Rule.{Plan, plan_reads, plan_writes}
 use Rattle.su_op.specs.declared.footprints.Footprint.{Footprint}
@@ -114,7 +114,7 @@ module _ (d : DeskState) (ks : List KeptOperation) (keeps : Keeps d.roster d.his
             areas = areas;
             kept = kept;
             within = none_within i whole fp.writes.items;
-            over = none_over i whole _;
+            over = none_over i whole ((store d.roster).act (tree_of d) x);
           }) in
           let below = all_below ks [] k (kept_ascend d.roster (d.history ++ entry_doing x ∷ []) (ks ++ k ∷ []) _ done) in
           subst (λ xs. Keeps d.roster (d.history ++ entry_doing x ∷ []) xs (tree_of (with_entry d (entry_doing x)))) (sym (insert_live-last k ks below))

@@ -198,7 +198,7 @@ keeps_joined d a f ops ks k T keeps many has number joined before whole =
       areas = before.areas;
       kept = subst (λ R. IsKeptOf k.inverse R) (sym p.before) before.kept;
       within = none_within k.inverse whole k.footprint.writes.items;
-      over = none_over k.inverse whole _;
+      over = none_over k.inverse whole ((store ro).act p.middle x);
     }) in
     let up = subst Ascend p.whole (kept_ascend ro (h ++ each_alone a f ops) ks T keeps) in
     let list : join_live k ks ≡ p.front ++ k ∷ [] = ap (join_live k) p.whole ∙ in_their_place ro p.middle T (length h + 1) a f ops p.front p.rest k p.leads many number up in

@@ -33,20 +33,20 @@ returns-in_default-clause-same g c =
 pub returns-clause-same : goal.returns-clause-same
 returns-clause-same g c =
     let s = c.args.self.now in
-    ap (λ ks. record s { kept = ks; stored = c.undo_kept.new.self })
-    (c.replace_inverse-2.ensures.others ∙ again s.kept c.replace_inverse.new.self c.args.number c.in-Some.kept c.undo_kept.result.0 c.nothing-nothing.result c.in-Some.ensures.value c.in-Some.ensures.others c.undo_kept.ensures.given_back)
+    ap (λ ks. record s { kept = ks; stored = c.undo_kept-kept.new.self })
+    (c.replace_inverse-2.ensures.others ∙ again s.kept c.replace_inverse.new.self c.args.number c.in-Some.kept c.undo_kept-kept.result.0 c.nothing-nothing.result c.in-Some.ensures.value c.in-Some.ensures.others c.undo_kept-kept.ensures.given_back)
 
 pub returns-clause-done : goal.returns-clause-done
 returns-clause-done g c F T shown puts =
     let l = lent c.args.self.now.kept c.args.number c.in-Some.kept F T c.in-Some.ensures.value puts in
-    c.undo_kept.ensures.done F T shown l.0 l.1
+    c.undo_kept-kept.ensures.done F T shown l.0 l.1
 
 pub returns-clause-err : goal.returns-clause-err
 returns-clause-err g c F T shown puts =
     let l = lent c.args.self.now.kept c.args.number c.in-Some.kept F T c.in-Some.ensures.value puts in
-    c.undo_kept.ensures.err F T shown l.0 l.1
+    c.undo_kept-kept.ensures.err F T shown l.0 l.1
 
 pub returns-clause-refused : goal.returns-clause-refused
 returns-clause-refused g c F T shown puts =
     let l = lent c.args.self.now.kept c.args.number c.in-Some.kept F T c.in-Some.ensures.value puts in
-    c.undo_kept.ensures.refused F T shown l.0 l.1
+    c.undo_kept-kept.ensures.refused F T shown l.0 l.1
